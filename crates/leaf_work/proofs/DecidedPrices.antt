@@ -294,9 +294,9 @@ module _ (p : Problem) (g : Region) (size : g.size ≡ customer_count p) where
 
 -- ---- The value of a leaf with the prices of its decided region.
 
-module _ (p : Problem) (g : Region) (prices : List ℤ) (f : ValuedPrices) (is : IsValued f) (problem : f.problem ≡ p) (region : f.region ≡ g) (priced : f.prices ≡ prices) (none : f.sets ≡ []) where
+module _ (p : Problem) (g : Region) (prices : List ℤ) (f : ValuedPrices) (is : IsValued f) (problem : f.problem ≡ p) (region : f.region ≡ g) (priced : f.prices ≡ prices) (none : f.sets ≡ []) (free : f.rows ≡ []) where
   valued : IsLeafValue version_2 p g f.neighbours prices f.value
-  valued = (same_without version_2 p g f.neighbours prices f.value).0 (rw (problem, region, priced, none) at is.valued)
+  valued = (same_without version_2 p g f.neighbours prices f.value).0 (rw (problem, region, priced, none, free) at is.valued)
 
   pub decided_value : (plan : Option Solution) → AreDecidedPrices p g prices plan → MatchOption plan (ceiling_of p + 1 ≤ f.value) (λ s. f.value ≡ s.cost)
   decided_value None s = s.0 version_2 f.neighbours f.value valued
@@ -308,13 +308,15 @@ module _ (p : Problem) (g : Region) (prices : List ℤ) (f : ValuedPrices) (is :
 
 -- so a leaf without an open arc comes to those prices
 pub decides_leaf : (f decided : ValuedPrices) (prices : List ℤ) (plan : Option Solution) → IsDecided f.region → AreDecidedPrices f.problem f.region prices plan
-    → IfSome plan (λ s. s.problem ≡ f.problem) → IsPricedAt f.region f decided → decided.prices ≡ prices → decided.sets ≡ [] → IsValued decided → IsDecidedLeaf f decided plan
-decides_leaf f decided prices plan closed deciding own at same none valued = record {
+    → IfSome plan (λ s. s.problem ≡ f.problem) → IsPricedAt f.region f decided → decided.prices ≡ prices → decided.sets ≡ [] → decided.rows ≡ [] → IsValued decided
+    → IsDecidedLeaf f decided plan
+decides_leaf f decided prices plan closed deciding own at same none free valued = record {
   closed = closed;
   priced = at;
   sets = none;
+  rows = free;
   valued = valued;
   own = own;
-  value = decided_value f.problem f.region prices decided valued at.problem at.region same none plan deciding;
-  all_plans = decided_plans f.problem f.region prices decided valued at.problem at.region same none plan deciding;
+  value = decided_value f.problem f.region prices decided valued at.problem at.region same none free plan deciding;
+  all_plans = decided_plans f.problem f.region prices decided valued at.problem at.region same none free plan deciding;
 }

@@ -6,7 +6,7 @@ ghost use Rattle.solomon_reader.specs.Problem.{customer_count};
 ghost use Rattle.solomon_reader.specs.CertificateText.{IsPrice};
 ghost use Rattle.solomon_reader.specs.declared.limits.TheConstants.{MOST_NEIGHBOURS};
 ghost use Rattle.priced_sets.specs.Sets.{IsWithin};
-ghost use Rattle.leaf_work.specs.FirstLeaf.{IsRefutedRoot};
+ghost use Rattle.leaf_work.specs.FirstLeaf.{IsRefutedRoot, IsRoot};
 
 use crate::first::FirstLimits;
 use crate::pricing::price_alone;
@@ -66,8 +66,37 @@ fn set_of_all<'i>(alloc: Global, instance: &'i Instance) -> Result<PricedSets<'i
     PricedSets::of(alloc, instance, &mut needed, &[all])
 }
 
-/// The root with these prices, where their value is above the cost of every plan. The tables of the instance are lent.
+/// The root with these prices of customers and sets; nothing where memory or labels don't suffice. The tables of the
+/// instance are lent.
 #[tactic(auto, using(labelling::proofs::Paying::priced_within, labelling::proofs::Paying::within_alone, labelling::proofs::Paying::no_rows_priced))]
+fn root_at<'i>(
+    alloc: Global,
+    nearness: &Nearness<'_>,
+    neighbours: u32,
+    prices: Vec<i64>,
+    sets: PricedSets<'i>,
+    labels: Option<usize>,
+) -> Option<Priced<'i>>
+    requires few { neighbours ≤ MOST_NEIGHBOURS }
+    requires count { length prices.items ≡ customer_count sets.problem }
+    requires in_range { AllByRecursion (IsWithin sets.sets) prices.items }
+    ensures root { IfSome result (IsRoot sets.entry.problem neighbours) }
+    ensures sets { IfSome result (λ f. f.sets ≡ sets.entry.sets) }
+    ensures rows { IfSome result (λ f. f.rows ≡ []) }
+{
+    let instance = sets.instance();
+    let task = PricingTask {
+        instance,
+        region: Region::root(alloc, instance.customer_count()),
+        neighbours,
+        prices,
+        sets,
+        rows: Vec::new(alloc),
+    };
+    price_alone(alloc, nearness, task, labels).ok()
+}
+
+/// The root with these prices, where their value is above the cost of every plan. The tables of the instance are lent.
 fn refuted_at<'i>(
     alloc: Global,
     nearness: &Nearness<'_>,
@@ -81,17 +110,9 @@ fn refuted_at<'i>(
     requires in_range { AllByRecursion (IsWithin sets.sets) prices.items }
     ensures { IfSome result (IsRefutedRoot sets.entry.problem neighbours (length sets.entry.sets)) }
 {
-    let instance = sets.instance();
-    let task = PricingTask {
-        instance,
-        region: Region::root(alloc, instance.customer_count()),
-        neighbours,
-        prices,
-        sets,
-        rows: Vec::new(alloc),
-    };
-    let root = price_alone(alloc, nearness, task, labels).ok()?;
-    if root.tenths() > u128::from(instance.ceiling().get()) {
+    let ceiling = sets.instance().ceiling();
+    let root = root_at(alloc, nearness, neighbours, prices, sets, labels)?;
+    if root.tenths() > u128::from(ceiling.get()) {
         Some(root)
     } else {
         None

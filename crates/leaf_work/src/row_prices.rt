@@ -7,7 +7,7 @@ ghost use Rattle.solomon_reader.specs.SubsetRows.{row_price_sum};
 ghost use Rattle.solomon_reader.specs.declared.limits.TheConstants.{MOST_ROW_PRICES};
 ghost use Rattle.row_charges.specs.Rows.{row_of, rows_of};
 ghost use Rattle.labelling.specs.PricedRows.{ArePricedRows};
-ghost use Rattle.leaf_work.specs.RowPrices.{IsBehind};
+ghost use Rattle.leaf_work.specs.RowPrices.{IsBehind, MayFollow};
 
 use row_charges::PricedRow;
 use solomon_reader::{Instance, MOST_ROW_PRICES};
@@ -27,10 +27,19 @@ fn is_listed(instance: &Instance, row: &PricedRow) -> bool
 fn is_behind(rows: &[PricedRow], row: &PricedRow) -> bool
     ensures { IsTrue result → IsBehind (rows_of rows.now) (row_of row.now).row }
 {
-    match rows.last() {
-        Some(last) => last.is_before(row),
-        None => true,
-    }
+    let count = rows.len();
+    count == 0 || rows[count - 1].is_before(row)
+}
+
+/// Whether a row may have its price behind these, in grains, where so much is left.
+fn may_follow(instance: &Instance, rows: &[PricedRow], left: u64, row: &PricedRow) -> bool
+    ensures { IsTrue result → MayFollow (customer_count instance.now) (rows_of rows.now) left (row_of row.now) }
+{
+    rows.len() < MOST_ROW_PRICES
+        && 1 <= row.price
+        && row.price <= left
+        && is_listed(instance, row)
+        && is_behind(rows, row)
 }
 
 /// Of these rows, which are to stand in increasing order, those that may have their prices, in grains: as many as may,
@@ -48,8 +57,7 @@ pub(crate) fn rows_within(
     let mut rows: Vec<PricedRow> = Vec::new(alloc);
     let mut left = most;
     for row in wanted {
-        let has_room = rows.len() < MOST_ROW_PRICES && 1 <= row.price && row.price <= left;
-        if has_room && is_listed(instance, row) && is_behind(rows.as_slice(), row) {
+        if may_follow(instance, rows.as_slice(), left, row) {
             left -= row.price;
             rows.push(*row)?;
         }

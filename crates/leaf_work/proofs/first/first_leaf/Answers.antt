@@ -15,6 +15,7 @@ returns-clause-not_lower c =
         root = record { problem = root.problem; region = root.region; neighbours = root.neighbours; valued = root.valued };
         prices = root.prices;
         sets = root.sets;
+        rows = root.rows;
       },
       not_lower,
     )

@@ -1,4 +1,5 @@
-use Rattle.std.proofs.Common.{◌∙◌}
+use Rattle.std.proofs.Common.{◌∙◌, ap}
+use Rattle.row_charges.specs.Rows.{rows_of}
 use Rattle.leaf_work.proofs.DecidedPrices.{decides_leaf}
 use Rattle.leaf_work.proofs.leaf.decided_leaf.Goals as goal
 
@@ -14,4 +15,4 @@ returns-clause-split c =
       region = is.region ∙ task.region;
       neighbours = is.neighbours ∙ task.neighbours;
     })
-    (is.prices ∙ task.prices) (is.sets ∙ task.sets) is.valued
+    (is.prices ∙ task.prices) (is.sets ∙ task.sets) (is.rows ∙ ap rows_of task.rows) is.valued
