@@ -1,5 +1,5 @@
 -- One more row behind those of a leaf.
-use Rattle.std.proofs.Common.{◌≡◌, ◌+◌, ◌≤◌, ℕ, zero, suc, List, [], ◌∷◌, ◌++◌, arith, map, length, get_or, length-append}
+use Rattle.std.proofs.Common.{◌≡◌, ◌+◌, ◌-◌, ◌≤◌, ℕ, zero, suc, List, [], ◌∷◌, ◌++◌, arith, map, length, get_or, length-append}
 use Rattle.std.specs.Prelude.{IsTrue}
 use Rattle.std.specs.List.{AllByRecursion}
 use Rattle.std.proofs.lemmas.List.{map-append, length-map}
@@ -55,8 +55,10 @@ pub written_priced : (n left : ℕ) (rows : List Written) (row : Written) → Ar
 written_priced n left rows row are may =
     rw (map-append row_of rows (row ∷ [])) (priced_more n (rows_of rows) (row_of row) are may.listed may.some may.behind)
 
-pub written_sum : (rows : List Written) (row : Written) → row_price_sum (rows_of (rows ++ (row ∷ []))) ≡ row_price_sum (rows_of rows) + row.price
-written_sum rows row = rw (map-append row_of rows (row ∷ [])) (sum_more (rows_of rows) (row_of row))
+pub written_sum : (n left most : ℕ) (rows : List Written) (row : Written) → MayFollow n (rows_of rows) left (row_of row) → row_price_sum (rows_of rows) + left ≡ most
+    → row_price_sum (rows_of (rows ++ (row ∷ []))) + (left - row.price) ≡ most
+written_sum n left most rows row may is =
+    rw (map-append row_of rows (row ∷ [])) (omega (arith, sum_more (rows_of rows) (row_of row), may.low, is))
 
 pub written_few : (n left : ℕ) (rows : List Written) (row : Written) → MayFollow n (rows_of rows) left (row_of row) → length (rows ++ (row ∷ [])) ≤ MOST_ROW_PRICES
 written_few n left rows row may = omega (arith, may.few, length-map rows row_of, length-append rows (row ∷ []))
