@@ -20,7 +20,7 @@ const PROGRAM: &str = "vrptw";
 
 /// What `--version` prints behind the program's name.
 const VERSION: &str =
-    "1.22.0 (writes certificates of version 2 or with sets or rows, reads 1, 2 and those with sets or rows)";
+    "1.23.0 (writes certificates of version 2 or with sets or rows, reads 1, 2 and those with sets or rows)";
 
 /// A path that has to be given.
 fn path<'a>(alloc: Global, id: &'a str, help: &'a str) -> Arg<'a>
