@@ -12,7 +12,7 @@ pub struct LeafCuts<'p> {
 }
 
 impl<'p> LeafCuts<'p> {
-    /// Those of a leaf.
+    /// Those of a leaf. No contract: any prices are sound.
     pub fn of(leaf: &'p Priced<'_>) -> LeafCuts<'p> {
         LeafCuts {
             sets: leaf.sets(),
